@@ -9,20 +9,20 @@ DESTDIR ?=
 PROGRAM ?=
 
 all:
-	@tools/program --proved >/dev/null 2>&1 || tools/first-build
+	@tools/build/program --proved >/dev/null 2>&1 || tools/build/first-build
 
 test:
 	@tests/run.py
 
 prove:
-	tools/dist --prove
+	tools/build/dist --prove
 
 dist:
-	tools/dist
+	tools/build/dist
 
 # The script finds the program and what else it reads from its own place, so that the tree can be moved.
 install:
-	@program="$(PROGRAM)"; [ -n "$$program" ] || program=$$(tools/program --proved) || exit 1; \
+	@program="$(PROGRAM)"; [ -n "$$program" ] || program=$$(tools/build/program --proved) || exit 1; \
 	install -D -m 755 "$$program" "$(DESTDIR)$(PREFIX)/libexec/gemzulat/quorum_cli"
 	install -D -m 755 quorum_cli "$(DESTDIR)$(PREFIX)/bin/quorum_cli"
 	install -d "$(DESTDIR)$(PREFIX)/share/gemzulat"

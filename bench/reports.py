@@ -22,7 +22,7 @@ import chosen
 import watchers
 
 REPORTS = os.path.join(TOP, "docs", "reports")
-TOOL = os.path.join(TOP, "tools", "network-report")
+TOOL = os.path.join(TOP, "tools", "use", "network-report")
 BUDGET = "10000"
 KINDS = [*watchers.KINDS, "split"]
 # The pictures: the first so many pixels of a page.

@@ -15,7 +15,7 @@ PACKAGE = os.path.join(TOP, "library", "python")
 
 @functools.cache
 def path() -> str:
-    """The program. If there is none, tools/program makes it."""
+    """The program. If there is none, tools/build/program makes it."""
     named = os.environ.get("QUORUM_CLI", "")
     if "/" in named:
         return os.path.abspath(named)
@@ -40,7 +40,7 @@ def is_of_dist() -> bool:
 
 
 def said(tool: str, *words: str) -> str:
-    asked = [os.path.join(TOP, "tools", tool), *words]
+    asked = [os.path.join(TOP, "tools", "build", tool), *words]
     return subprocess.run(asked, stdin=subprocess.DEVNULL, stdout=subprocess.PIPE, text=True).stdout.strip()
 
 

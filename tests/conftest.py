@@ -14,7 +14,7 @@ import pytest
 sys.dont_write_bytecode = True
 TOP = os.path.dirname(os.path.dirname(os.path.abspath(__file__)))
 # (behind what is installed; the folder of each test comes first by itself)
-sys.path += [os.path.join(TOP, it) for it in ("bench", "tools", "library/python")]
+sys.path += [os.path.join(TOP, it) for it in ("bench", "tools/build", "tools/maintain", "tools/use", "library/python")]
 # (a failed comparison in one of these is shown with both sides, as in a test)
 pytest.register_assert_rewrite("memory")
 
@@ -63,14 +63,14 @@ def pytest_runtest_setup(item: Any) -> None:
         except toolchain.Unfit as why:
             pytest.skip(str(why))
     if item.path.parent.name == "python" and not os.path.exists(chosen.library()):
-        pytest.skip("libquorum.so is not built: run tools/library")
+        pytest.skip("libquorum.so is not built: run tools/build/library")
 
 
 @pytest.fixture(scope="session")
 def program() -> str:
     """The path of the program."""
     found = chosen.path()
-    assert os.access(found, os.X_OK), "there is no program: tools/program makes it"
+    assert os.access(found, os.X_OK), "there is no program: tools/build/program makes it"
     return found
 
 
@@ -78,7 +78,7 @@ def program() -> str:
 def library() -> str:
     """The path of libquorum.so."""
     if not os.path.exists(chosen.library()):
-        pytest.skip("libquorum.so is not built: run tools/library")
+        pytest.skip("libquorum.so is not built: run tools/build/library")
     return chosen.library()
 
 

@@ -132,7 +132,7 @@ def parameters(code: str) -> Iterator[str]:
 
 
 def tool(name: str) -> list[str]:
-    return [sys.executable, os.path.join(TOP, "tools", name)]
+    return [sys.executable, os.path.join(TOP, "tools", "maintain", name)]
 
 
 def uses_of(text: str) -> dict[str, list[str]]:
@@ -237,14 +237,14 @@ def specification() -> Iterator[str]:
     """docs/SPECIFICATION.md is what the specs say."""
     made = subprocess.run([*tool("specification"), "--check"], stderr=subprocess.PIPE)
     if made.returncode:
-        yield made.stderr.decode().strip() or "tools/specification --check fails"
+        yield made.stderr.decode().strip() or "tools/maintain/specification --check fails"
 
 
 def picture() -> Iterator[str]:
     """The picture is the one of crates.txt."""
     drawn = subprocess.run([*tool("crates-picture"), "--print"], stdout=subprocess.PIPE).stdout.decode()
     if text_of("docs/crates.svg") != drawn:
-        yield "docs/crates.svg is not that of crates.txt: run tools/crates-picture"
+        yield "docs/crates.svg is not that of crates.txt: run tools/maintain/crates-picture"
 
 
 def crates_of_the_map() -> list[str]:

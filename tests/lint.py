@@ -31,7 +31,7 @@ PARTS: dict[str, list[str]] = {
     "tests": IN_TESTS,
     "bench": IN_TESTS,
 }
-SEARCHED = ("tests", "bench", "tools", "library/python")
+SEARCHED = ("tests", "bench", "tools/build", "tools/maintain", "tools/use", "library/python")
 ESLINT_SETTINGS = re.compile(r"(\.eslintrc(\.(js|cjs|json|yml|yaml))?|eslint\.config\.(js|mjs|cjs))")
 # Where Debian's packages of node lie; another node than Debian's does not look there by itself.
 NODE_PATH = "/usr/share/nodejs"

@@ -151,7 +151,9 @@ class Runner:
 def program() -> str:
     """The program that ./quorum_cli runs; none where it can be neither found nor made."""
     return (
-        subprocess.run([os.path.join(TOP, "tools", "program")], stdin=subprocess.DEVNULL, stdout=subprocess.PIPE)
+        subprocess.run(
+            [os.path.join(TOP, "tools", "build", "program")], stdin=subprocess.DEVNULL, stdout=subprocess.PIPE
+        )
         .stdout.decode()
         .rstrip("\n")
     )

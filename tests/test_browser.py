@@ -26,7 +26,7 @@ import browser
 import chosen
 from networks import Networks
 
-TOOL = os.path.join(chosen.TOP, "tools", "network-report")
+TOOL = os.path.join(chosen.TOP, "tools", "use", "network-report")
 BUDGET = "10000"
 MOST_BYTES = 400_000
 MOST_SHEETS = 10

@@ -1,4 +1,5 @@
-"""Which program ./quorum_cli runs: tried on a small repository with a stand-in for dist/ and for tools/first-build.
+"""Which program ./quorum_cli runs: tried on a small repository with a stand-in for dist/ and for
+tools/build/first-build.
 
 That of dist/ as long as its sources are those that lie there and it is whole; else what is built, else what is
 compiled; what is said of it; a checkout that cannot be written, several first calls at once, other machines.
@@ -66,7 +67,7 @@ class Repository:
             self.write(f"crates/{name}/specs/Words.antt", "words of " + name)
             self.write(f"crates/{name}/proofs/Words.antt", "proofs of " + name)
         self.write("which", PROGRAM.replace("{kind}", "which"))
-        self.write("tools/first-build", FIRST_BUILD.replace("{top}", self.top), 0o755)
+        self.write("tools/build/first-build", FIRST_BUILD.replace("{top}", self.top), 0o755)
         self.release()
 
     def path(self, name: str) -> str:
@@ -117,7 +118,7 @@ class Repository:
         return ended.returncode, ended.stdout.decode(), ended.stderr.decode()
 
     def calls(self) -> list[str]:
-        """How tools/first-build was called since this was asked last."""
+        """How tools/build/first-build was called since this was asked last."""
         if not os.path.exists(self.path("calls")):
             return []
         found = self.read("calls").decode().splitlines()
@@ -381,7 +382,7 @@ def test_a_checkout_that_cannot_be_written_answers(repository: Repository) -> No
 
 
 def test_the_script_sums_up_the_sources_as_tools_dist_does() -> None:
-    loader = importlib.machinery.SourceFileLoader("tools_dist", os.path.join(TOP, "tools", "dist"))
+    loader = importlib.machinery.SourceFileLoader("tools_dist", os.path.join(TOP, "tools", "build", "dist"))
     tool = importlib.util.module_from_spec(importlib.util.spec_from_loader("tools_dist", loader))
     loader.exec_module(tool)
     crates = tool.Crates()

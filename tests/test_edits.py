@@ -1,4 +1,4 @@
-"""Tries tools/edits on a crate of six functions, in a repository of its own.
+"""Tries tools/maintain/edits on a crate of six functions, in a repository of its own.
 
 Bodies that are wrong, in one check and over two functions that call one another; bodies that are right, edits that
 cannot be read and edits that only take away a name which a proof cites: of these each is said to fail. Wrong words, a
@@ -85,7 +85,7 @@ class Repository:
         self.folder = folder
         os.mkdir(os.path.join(folder, ".git"))
         os.mkdir(os.path.join(folder, "tmp"))
-        for name in ("edits", "toolchain.py", "rt"):
+        for name in ("maintain/edits", "build/toolchain.py", "build/rt"):
             self.write("tools/" + name, open(os.path.join(TOP, "tools", name), encoding="utf-8").read())
         self.write("crates.txt", "tiny:\n")
         self.write("crates/tiny/src/lib.rt", HEAD + "".join(self.of(FUNCTION, *it) for it in enumerate(NAMES, 1)))
@@ -103,7 +103,7 @@ class Repository:
             it.write(text)
 
     def words(self, *words: str) -> Any:
-        return [sys.executable, os.path.join(self.folder, "tools/edits"), *words]
+        return [sys.executable, os.path.join(self.folder, "tools/maintain/edits"), *words]
 
     def how(self) -> Any:
         return {
@@ -199,9 +199,9 @@ def test_what_is_not_refused_is_named_with_its_reason(tiny: Repository) -> None:
 def test_wrong_words_are_named(tiny: Repository) -> None:
     tiny.put({"one": edit(WRONG["one"])})
     for name, words, said in [
-        ("no words", [], "usage: tools/edits"),
-        ("a crate that is not there", ["none"], "tools/edits: there is no crate none\n"),
-        ("an edit that is not there", ["tiny", "none"], "tools/edits: there is no edit none.edit\n"),
+        ("no words", [], "usage: tools/maintain/edits"),
+        ("a crate that is not there", ["none"], "tools/maintain/edits: there is no crate none\n"),
+        ("an edit that is not there", ["tiny", "none"], "tools/maintain/edits: there is no edit none.edit\n"),
     ]:
         ended = subprocess.run(tiny.words(*words), stdout=subprocess.PIPE, stderr=subprocess.PIPE, **tiny.how())  # type: ignore[misc]  # noqa: E501
         assert (ended.returncode, ended.stdout, ended.stderr[: len(said)]) == (2, "", said), name
@@ -210,7 +210,7 @@ def test_wrong_words_are_named(tiny: Repository) -> None:
 def test_an_interrupt_leaves_all_as_it_was(tiny: Repository) -> None:
     tiny.put({name: edit(pairs) for name, pairs in WRONG.items()})
     subprocess.run(  # type: ignore[call-overload]
-        [sys.executable, os.path.join(tiny.folder, "tools/rt"), "check"],
+        [sys.executable, os.path.join(tiny.folder, "tools/build/rt"), "check"],
         stdout=subprocess.DEVNULL,
         **{**tiny.how(), "cwd": os.path.join(tiny.folder, "crates/tiny")},
     )

@@ -1,8 +1,8 @@
 """The library as it is called from C, C++ and Python, beside the program: status, text and certificate are the same
 bytes.
 
-With --long tools/library builds it first. Else the library is the one that tools/library has built of these sources,
-or that of dist/, if the program is of it. What needs a tool that is not there is skipped.
+With --long tools/build/library builds it first. Else the library is the one that tools/build/library has built of
+these sources, or that of dist/, if the program is of it. What needs a tool that is not there is skipped.
 """
 
 from __future__ import annotations
@@ -37,7 +37,7 @@ from quorums import Quorums, Refused, TooLarge, binding, trial
 
 TOP = os.path.dirname(os.path.dirname(os.path.abspath(__file__)))
 OUT = os.path.join(TOP, "library", "out")
-# The status of tools/library --built where it has built no library of these sources.
+# The status of tools/build/library --built where it has built no library of these sources.
 NOT_BUILT = 3
 STRICT = ["-Wall", "-Wextra", "-Werror", "-pedantic", "-O2"]
 # All that the shared library may call.
@@ -202,14 +202,14 @@ def folder() -> Iterator[str]:
 
 def folder_of_the_library(is_long: bool) -> str:
     if is_long or shutil.which("rt"):
-        words = [os.path.join(TOP, "tools", "library"), *(["--built"] if not is_long else [])]
+        words = [os.path.join(TOP, "tools", "build", "library"), *(["--built"] if not is_long else [])]
         status = subprocess.run(words, stdout=subprocess.DEVNULL).returncode
         if status == 0:
             return OUT
-        assert status == NOT_BUILT and not is_long, "tools/library fails"
+        assert status == NOT_BUILT and not is_long, "tools/build/library fails"
     found = os.path.dirname(chosen.library())
     if found == OUT or not os.path.exists(os.path.join(found, "libquorum.a")):
-        pytest.skip("none is built of these sources, which tools/library does, and that of dist/ is of others")
+        pytest.skip("none is built of these sources, which tools/build/library does, and that of dist/ is of others")
     return found
 
 

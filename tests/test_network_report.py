@@ -1,4 +1,4 @@
-"""Runs tools/network-report with the built program: what its page says, shows and loads, and that it says nothing
+"""Runs tools/use/network-report with the built program: what its page says, shows and loads, and that it says nothing
 unchecked.
 """
 
@@ -24,7 +24,7 @@ import pytest
 TOP = os.path.dirname(os.path.dirname(os.path.abspath(__file__)))
 NETWORK = os.path.join(TOP, "examples", "network.json")
 ORGS = os.path.join(TOP, "examples", "orgs.json")
-TOOL = os.path.join(TOP, "tools", "network-report")
+TOOL = os.path.join(TOP, "tools", "use", "network-report")
 
 # A quorum set that no choice meets, a validator that stands twice, names with markup, two nodes of one name, a key
 # like an option.

@@ -57,11 +57,11 @@ def share(name: str) -> str:
 
 @pytest.mark.parametrize("tool", ["commands", "knows"])
 def test_what_is_made_from_the_table_is_up_to_date(tool: str) -> None:
-    assert ran([os.path.join(TOP, "tools", tool), "--check"])[:2] == (0, "")
+    assert ran([os.path.join(TOP, "tools", "maintain", tool), "--check"])[:2] == (0, "")
 
 
 def test_the_table_is_that_of_the_programs_usage_text(program: str) -> None:
-    status, said, _ = ran([os.path.join(TOP, "tools", "commands"), "--print"])
+    status, said, _ = ran([os.path.join(TOP, "tools", "maintain", "commands"), "--print"])
     assert status == 0
     assert ran([program])[:2] == (3, said)
 

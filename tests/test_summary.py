@@ -1,9 +1,9 @@
 """The summary of both pages, beside trying all sets (tests/summary.py): on four networks of which it once said what is
 not so, and on small random networks.
 
-What the summary says comes from tools/network-report as data (--json), and from the page's modules in node, which ask
-the same program. Both pages have to say it in the same words, and of the four networks those that stand in FOUR and
-not others.
+What the summary says comes from tools/use/network-report as data (--json), and from the page's modules in node, which
+ask the same program. Both pages have to say it in the same words, and of the four networks those that stand in FOUR
+and not others.
 """
 
 from __future__ import annotations
@@ -24,7 +24,7 @@ import pytest
 import summary
 
 TOP = os.path.dirname(os.path.dirname(os.path.abspath(__file__)))
-TOOL = os.path.join(TOP, "tools", "network-report")
+TOOL = os.path.join(TOP, "tools", "use", "network-report")
 IN_NODE = os.path.join(TOP, "tests", "web_summary.mjs")
 NODE = shutil.which("node")
 

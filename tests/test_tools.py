@@ -1,11 +1,11 @@
-"""Runs tools/hints, tools/pair and tools/refutation on files that a slip hands them: what they say, and that they put
-out nothing then; and the last two on formulas of each version.
+"""Runs tools/use/hints, tools/use/pair and tools/use/refutation on files that a slip hands them: what they say, and
+that they put out nothing then; and the last two on formulas of each version.
 
 Whether what they make is right is shown by the examples of the documents, where `check-lrat` and `check` read it. Of
-tools/arguments, tools/twice and tools/callers it shows what they count, and that docs/DECISIONS.md names each contract
-that the first of them lists; of tools/uses, which names it sees in a text and in crates.txt; of tools/limits, which
-constants it sees, which have a number in a sample, and that it lists none; of tools/memory-answers, which calls a test
-runs. The program is not needed.
+tools/maintain/arguments, tools/maintain/twice and tools/maintain/callers it shows what they count, and that
+docs/DECISIONS.md names each contract that the first of them lists; of tools/maintain/uses, which names it sees in a
+text and in crates.txt; of tools/maintain/limits, which constants it sees, which have a number in a sample, and that it
+lists none; of tools/maintain/memory-answers, which calls a test runs. The program is not needed.
 """
 
 from __future__ import annotations
@@ -182,7 +182,7 @@ LAWS = [
 @functools.cache
 def tool(name: str) -> types.ModuleType:
     """A tool as a module."""
-    loader = importlib.machinery.SourceFileLoader(name, os.path.join(TOP, "tools", name))
+    loader = importlib.machinery.SourceFileLoader(name, os.path.join(TOP, "tools", "maintain", name))
     made = importlib.util.module_from_spec(importlib.util.spec_from_loader(name, loader))
     loader.exec_module(made)
     return made
@@ -195,7 +195,7 @@ def test_a_tool_says_what_is_wrong_with_a_file(
     (tmp_path / "first").write_bytes(formula)
     (tmp_path / "second").write_bytes(second)
     ended = subprocess.run(
-        [os.path.join(TOP, "tools", name), "first", "second"],
+        [os.path.join(TOP, "tools", "use", name), "first", "second"],
         cwd=tmp_path,
         stdout=subprocess.PIPE,
         stderr=subprocess.PIPE,

@@ -1,7 +1,7 @@
 """The modules of the page: what eslint and tsc find in them, each in node, and what esbuild makes of them.
 
 A page has the same bytes from another folder and under another clock and number of processors, and each module stands
-in it; where esbuild is missing tools/web-page says so in one line. What is not installed (Debian's eslint,
+in it; where esbuild is missing tools/build/web-page says so in one line. What is not installed (Debian's eslint,
 node-typescript, nodejs, esbuild, zopfli) is skipped.
 """
 
@@ -81,7 +81,7 @@ def module(tmp_path: Path) -> Path:
 
 def page_over(module: Path, top: str = TOP, **how: Any) -> bytes:
     page = module.with_name("made.html")
-    words = [sys.executable, os.path.join(top, "tools", "web-page"), "-o", str(page), "--module", str(module)]
+    words = [sys.executable, os.path.join(top, "tools", "build", "web-page"), "-o", str(page), "--module", str(module)]
     status, said = ran(words, **how)
     assert status == 0, said
     return page.read_bytes()
@@ -108,6 +108,6 @@ def test_without_esbuild_it_says_so(module: Path) -> None:
     tools = module.parent / "bin"
     tools.mkdir()
     (tools / "zopfli").symlink_to(shutil.which("zopfli") or "")
-    words = [sys.executable, os.path.join(TOP, "tools", "web-page"), "-o", str(module.with_name("made.html"))]
+    words = [sys.executable, os.path.join(TOP, "tools", "build", "web-page"), "-o", str(module.with_name("made.html"))]
     said = "web-page: there is no esbuild, which bundles the page's modules: apt-get install esbuild\n"
     assert ran([*words, "--module", str(module)], env={"PATH": str(tools)}) == (1, said)

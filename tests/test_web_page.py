@@ -1,4 +1,4 @@
-"""The page of tools/web-page: its module in node, and the page in Chromium, beside the program.
+"""The page of tools/build/web-page: its module in node, and the page in Chromium, beside the program.
 
 Status, text and certificate of each question are the program's, byte for byte: in node on the examples, on files that
 are refused and on networks of tests/watchers.py; in Chromium as an operator asks, by file field and by a real drop,
@@ -41,7 +41,7 @@ import watchers
 from needed import needs
 
 TOP = os.path.dirname(os.path.dirname(os.path.abspath(__file__)))
-MAKER = os.path.join(TOP, "tools", "web-page")
+MAKER = os.path.join(TOP, "tools", "build", "web-page")
 EXAMPLES = os.path.join(TOP, "examples")
 MOST_BYTES = 750_000
 WIDTHS = {"phone": 360, "tablet": 768, "desk": 1280}

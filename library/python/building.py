@@ -43,7 +43,7 @@ def entry_points(project: dict[str, Any]) -> str:
 def build_wheel(wheel_directory: str, config_settings: object = None, metadata_directory: object = None) -> str:
     """Writes the wheel, as PEP 517 has it, and returns its name."""
     if not os.path.exists(os.path.join(HERE, "quorums", "libquorum.so")):
-        raise SystemExit("libquorum.so is not here: run tools/library, and install library/out/python")
+        raise SystemExit("libquorum.so is not here: run tools/build/library, and install library/out/python")
     project = tomllib.loads(held("pyproject.toml").decode())["project"]
     version, tag = held("VERSION").decode().strip(), "py3-none-" + sysconfig.get_platform().replace("-", "_").replace(
         ".", "_"

@@ -1,5 +1,5 @@
 #!/usr/bin/env python3
-"""Writes quorums/commands.py, a method for each command, from the table share/commands.json (tools/commands).
+"""Writes quorums/commands.py, a method for each command, from the table share/commands.json (tools/maintain/commands).
 
 usage: library/python/make_commands.py [--check]
 
@@ -120,7 +120,7 @@ def main() -> int:
         with open(path, encoding="utf-8") as it:
             if it.read() == text:
                 return 0
-        print("make_commands: quorums/commands.py is not that of share/commands.json: run tools/commands")
+        print("make_commands: quorums/commands.py is not that of share/commands.json: run tools/maintain/commands")
         return 1
     with open(path, "w", encoding="utf-8") as it:
         it.write(text)

@@ -70,11 +70,11 @@ take_unproved() {
   make_program --unproved
 }
 
-# Has tools/first-build make a program, and ends if it made none.
+# Has tools/build/first-build make a program, and ends if it made none.
 make_program() {
   [ -z "$only_asked" ] || return 0
   is_made=1
-  hand_on "$top/tools/first-build" "$@" 1>&2
+  hand_on "$top/tools/build/first-build" "$@" 1>&2
   # (no answer's status: with another one than 70 it was not Python that was there, or a fault of it)
   [ "$status" = 0 ] || { rm -f "$begun"; [ "$status" -gt 128 ] || status=70; end; }
 }

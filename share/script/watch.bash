@@ -133,7 +133,7 @@ figures() {
   printf ', %s lines of %s' "$(wc -l <"$cert")" "${cert##*/}"
   kind=$(sed -n '5{s/^kind //;s/^partial-//;p;q}' "$cert")
   case $kind in
-  # (made by tools/packaging from here)
+  # (made by tools/maintain/packaging from here)
   blocking | org-blocking) printf ', %s sets' "$(grep -c '^b ' "$cert")" ;;
   quorums) printf ', %s sets' "$(grep -c '^q ' "$cert")" ;;
   least) printf ', %s nodes the least so far' "$(sed -n 's/^s [0-9]*//p' "$cert" | tail -n 1 | wc -w)" ;;

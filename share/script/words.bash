@@ -122,7 +122,7 @@ tell() {
 }
 
 # The options that [COMMON] stands for.
-# (made by tools/packaging from here)
+# (made by tools/maintain/packaging from here)
 common() { echo 'COMMON: --from NAME --faulty NAMES --orgs ORGS --faulty-orgs IDS'; }
 # (to here)
 

@@ -6,7 +6,7 @@ usage: tests/coverage/cases.py --table [--refuse N] | --merge FOLDER [TARGET..]
 A case is the words of a question and the files that they name. tests/coverage/test_cases.py says what is asked of
 each. With --table docs/TESTING.md gets the branches that the corpus reaches. With --merge the corpus becomes what of
 the cases in FOLDER/TARGET/ and in the corpus reaches more. The library is compiled anew for that, with its branches
-counted: that of tools/library --bitcode, else one without proofs.
+counted: that of tools/build/library --bitcode, else one without proofs.
 """
 
 import argparse

@@ -1,4 +1,4 @@
-// What the summary asks, question by question. The report asks the same (tools/network_page/findings.py); tests/summary.py holds both together.
+// What the summary asks, question by question. The report asks the same (tools/use/network_page/findings.py); tests/summary.py holds both together.
 import { sortedBy } from '../state/order.js';
 import { bytesOf, linesOf, namesIn, setsIn, textOf } from '../state/texts.js';
 

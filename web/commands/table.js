@@ -1,4 +1,4 @@
-// Made by tools/commands from share/commands.json, and what lies here: do not edit.
+// Made by tools/maintain/commands from share/commands.json, and what lies here: do not edit.
 import { SENTENCES } from '../words/sentences.js';
 import { command as ofAvailable } from './available.js';
 import { command as ofBlocking } from './blocking.js';

@@ -1,5 +1,5 @@
 // How what stands in a sentence is put into words: texts, and organisations and nodes as `org:` with an id and `node:` with a key in an
-// object. The report does the same (tools/network_page/sentences.py); tests/summary.py holds both together.
+// object. The report does the same (tools/use/network_page/sentences.py); tests/summary.py holds both together.
 import { natural, sortedBy } from '../state/order.js';
 import { SENTENCES } from './sentences.js';
 

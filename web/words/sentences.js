@@ -1,4 +1,4 @@
-// What is worded for people, for the page and for tools/network-report, which takes what stands in the outer brackets as JSON: the summary's
+// What is worded for people, for the page and for tools/use/network-report, which takes what stands in the outer brackets as JSON: the summary's
 // sentences, the questions in the page's order, a title and a sentence for each kind of answer, and what a refusal means. A name in
 // braces is a place that is filled.
 export const SENTENCES = {

@@ -1,4 +1,4 @@
-// Which sentences of words/sentences.js the summary says, and of what. The report decides the same (tools/network_page/summary.py);
+// Which sentences of words/sentences.js the summary says, and of what. The report decides the same (tools/use/network_page/summary.py);
 // tests/summary.py holds both together.
 import { FORK_OF, distinct, inOrder, leastOf } from '../asking/questions.js';
 

@@ -1,1 +1,0 @@
-"""The parts of tools/network-report: what is asked, the network's names, the picture and the page."""

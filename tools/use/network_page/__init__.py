@@ -1,0 +1,1 @@
+"""The parts of tools/use/network-report: what is asked, the network's names, the picture and the page."""
