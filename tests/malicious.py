@@ -5,7 +5,10 @@ from __future__ import annotations
 import hashlib
 import re
 from collections.abc import Callable, Iterator
-from typing import Any, NamedTuple
+from typing import Any, NamedTuple, Union
+
+# A file, or what makes it when it is wanted.
+Content = Union[bytes, Callable[[], bytes]]
 
 MOST_LINE = 134217728
 
@@ -81,7 +84,7 @@ def shown(nodes: int, entries: int, unset: int, *found: str) -> str:
 
 
 # What 'show' says of a configuration.
-CONFIGURATIONS = [
+CONFIGURATIONS: list[tuple[str, Content, int, str]] = [
     ("no byte", b"", 4, "config not-json\n"),
     ("one byte", b"\x00", 4, "config not-json\n"),
     ("a byte order mark", b"\xef\xbb\xbf[]", 4, "config not-json\n"),
@@ -175,7 +178,7 @@ CONFIGURATIONS = [
 ]
 
 # What 'greatest' says of two nodes, with a file of organisations and A as the faulty one.
-ORGANISATIONS = [
+ORGANISATIONS: list[tuple[str, Content, int, str]] = [
     ("no byte", b"", 4, "orgs not-json\n"),
     ("an object", b"{}", 4, "orgs not-orgs\n"),
     ("128 arrays in one another", b"[" * 128 + b"]" * 128, 4, "orgs not-json\n"),
@@ -204,7 +207,7 @@ ORGANISATIONS = [
 ]
 
 # What 'check' says of a configuration and a certificate.
-CERTIFICATES = [
+CERTIFICATES: list[tuple[str, Content, Content, int, str]] = [
     ("as it should be", TWO, REFUTATION, 0, REFUTED),
     (
         "the greatest id",
@@ -518,7 +521,7 @@ LEAST_LINES = (
 LEAST = head(THREE, "least", version=2) + LEAST_LINES
 SOME_LEAST = head(THREE, "partial-least", version=2)
 
-LISTS = [
+LISTS: list[tuple[str, Content, Content, int, str]] = [
     ("as it should be", THREE, BLOCKING, 0, LISTED),
     ("a set left out", THREE, BLOCKING.replace(b"b 6 b c\n", b""), 5, "refused step 12 no-such-clause 6\n"),
     ("a set again", THREE, BLOCKING.replace(b"b 6 b c", b"b 6 a b"), 5, "refused not-new 11\n"),
@@ -697,7 +700,7 @@ def beside(orgs: Any) -> bytes:
     )
 
 
-GROUPED = [
+GROUPED: list[tuple[str, Content, Content, Content, int, str]] = [
     ("as it should be", THREE, TOGETHER, GROUPS, 0, STOPPED),
     (
         "a space behind the organisations",
@@ -841,7 +844,7 @@ FIRST = b"13 -1 0 7 6 3 4 2 0\n"
 LAST = b"14 0 13 1 8 5 0\n"
 VERIFIED = "verified\nfrom\nfaulty\n"
 
-PROOFS = [
+PROOFS: list[tuple[str, Content, int, str]] = [
     ("as it should be", FIRST + LAST, 0, VERIFIED),
     ("no byte", b"", 5, "refused not-refuted 1\n"),
     ("a line feed", b"\n", 5, "refused not-refuted 2\n"),
@@ -903,7 +906,7 @@ PROOFS = [
 
 # Scripts over two of two, p and q, with the set p, and their answers.
 BEFORE = "edit 0\ngreatest p q\navailable no\nunmet q\n"
-SCRIPTS = [
+SCRIPTS: list[tuple[str, Content, int, str]] = [
     ("nothing", b"", 0, BEFORE),
     ("1,048,576 bytes of line feeds", lambda: b"\n" * 1048576, 10, "script bad-line 1\n"),
     ("1,048,577 bytes", lambda: b"\n" * 1048577, 10, "script too-long\n"),
@@ -934,7 +937,7 @@ SCRIPTS = [
 ]
 
 # Nodes and entries at the limits, what comes to them, and the answer.
-LIMITS = [
+LIMITS: list[tuple[str, Content, Content, str]] = [
     (
         "one node too many",
         lambda: b"[" + b",".join(b'{"publicKey":"n%05d"}' % i for i in range(16384)) + b"]",
@@ -965,7 +968,7 @@ class Row(NamedTuple):
 
     name: str
     words: list[str]
-    files: dict[str, bytes | Callable[[], bytes]]
+    files: dict[str, Content]
     status: int
     text: str
 

@@ -83,7 +83,7 @@ class Place:
     def files(self) -> list[str]:
         return sorted(os.listdir(self.path("")))
 
-    def run(self, words: str, **how: Callable[..., Any]) -> tuple[int, list[str], str]:
+    def run(self, words: str, **how: Any) -> tuple[int, list[str], str]:
         """The status, the last line, and what is on standard error."""
         status, text, error = self.folder.run(words, within=self.name, **how)
         return status, text.split("\n")[-2:-1], error

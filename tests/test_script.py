@@ -545,8 +545,7 @@ def test_a_second_interrupt_ends_the_first_part(script: Script) -> None:
     script.asked()
 
 
-def progress(self) -> None:
-    """The line that is rewritten, and the last figures; the output stays by itscript."""
+def test_progress_is_a_line_that_is_rewritten_and_the_output_stays_by_itself(script: Script) -> None:
     status, out, error = script.run(
         "blocking three c --progress", tree=script.slow, SLOW_FROM="0", SLOW="2.3", ENOUGH="0"
     )
