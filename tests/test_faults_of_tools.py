@@ -67,7 +67,7 @@ ROWS: list[Row] = [
     ("tools/build/library", "--built", 1, f"library: {NO_TOOLCHAIN}"),
     ("tools/build/program", "--prove", 2, "takes no word but --proved, and not --prove"),
     ("tools/build/rt", "check", 2, NO_TOOLCHAIN),
-    ("tools/build/rt", "--kit none check", 2, "--kit names no toolchain's folder: none/bin/rt is no program"),
+    ("tools/build/rt", "--kit none check", 2, "--kit names no toolchain's folder: there is no none/bin/rt"),
     ("tools/build/web-page", "", 2, "the following arguments are required: -o"),
     ("tools/build/web-page", "-o none/x.html", 1, "web-page: none: no such folder"),
     ("tools/build/web-page", "-o folder --module bytes", 1, "web-page: folder is a folder: name the file itself"),
