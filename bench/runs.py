@@ -15,7 +15,7 @@ TOP = os.path.dirname(os.path.dirname(os.path.abspath(__file__)))
 sys.path.append(os.path.join(TOP, "tests"))
 import chosen
 
-PROGRAM = chosen.PROGRAM
+PROGRAM = chosen.path()
 # a folder whose files lie in memory, if there is one
 MEMORY = "/dev/shm" if os.access("/dev/shm", os.W_OK) else None
 MOST_SECONDS = 900

@@ -57,6 +57,3 @@ def run(*words: str, **how: Any) -> Ran:
     how = {"stdin": subprocess.DEVNULL, "stdout": subprocess.PIPE, "stderr": subprocess.PIPE, "timeout": 300, **how}
     ended = subprocess.run([path(), *words], **how)
     return Ran(ended.returncode, (ended.stdout or b"").decode(), (ended.stderr or b"").decode())
-
-
-PROGRAM = path()

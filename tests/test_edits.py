@@ -149,8 +149,9 @@ class Repository:
         return found
 
 
-@pytest.fixture
+@pytest.fixture(scope="module")
 def tiny() -> Iterator[Repository]:
+    """One for all, in this order: what is proved of it is kept, and the last makes it wrong."""
     with tempfile.TemporaryDirectory() as folder:
         yield Repository(folder)
 
