@@ -30,6 +30,7 @@ def pytest_addoption(parser: Any) -> None:
     group.addoption("--long", action="store_true", help="more cases, and the tests that take long")
     group.addoption("--cases", type=int, metavar="N", help="how many cases each test makes that makes them up")
     group.addoption("--seed", type=int, metavar="N", help="from which number it makes them")
+    group.addoption("--part", type=part, metavar="K/N", help="only the K-th of every N tests")
     group.addoption("--fuzz", type=int, metavar="SECONDS", default=60, help="how long libFuzzer searches, with --long")
     group.addoption(
         "--page", metavar="PAGE", help="the page that tests/test_web_page.py opens, instead of one it makes"
@@ -38,17 +39,25 @@ def pytest_addoption(parser: Any) -> None:
     group.addoption("--kind", help="only cases of this kind, where a test makes several: of tests/fuzz.py, as whatif")
 
 
+def part(word: str) -> slice:
+    """The tests of a part, K/N: from the K-th on every N-th."""
+    which, count = (int(it) for it in word.split("/"))
+    if not 1 <= which <= count:
+        raise ValueError
+    return slice(which - 1, None, count)
+
+
 def pytest_configure(config: Any) -> None:
     # (the Python package reads it when it is imported)
     os.environ["QUORUM_LIBRARY"] = chosen.library()
 
 
 def pytest_collection_modifyitems(config: Any, items: list[Any]) -> None:
-    """What takes long is left out unless it is asked for."""
-    if not config.getoption("--long"):
-        left_out = [it for it in items if it.get_closest_marker("long")]
-        config.hook.pytest_deselected(items=left_out)
-        items[:] = [it for it in items if not it.get_closest_marker("long")]
+    """What takes long is left out unless it is asked for, and of the rest what is of another part."""
+    kept = [it for it in items if config.getoption("--long") or not it.get_closest_marker("long")]
+    kept = kept[config.getoption("--part") or slice(None)]
+    config.hook.pytest_deselected(items=[it for it in items if it not in kept])
+    items[:] = kept
 
 
 def pytest_runtest_setup(item: Any) -> None:

@@ -43,6 +43,8 @@ DEAREST = (
     "memory fail_alloc python/many_snapshots network_report web_page web_modules library lint malicious script wrapper"
     " summary browser process replacing answers coverage/cases python/bulk python/command"
 ).split()
+# What takes longer than the others together on the other processors runs in so many parts, side by side.
+PARTS = {"web_page": 2}
 # What needs no program, so that none is made for it.
 WITHOUT_PROGRAM = {"dist", "documents", "lint", "web_modules", "wrapper"}
 # A file all of whose tests take long.
@@ -118,9 +120,11 @@ class Runner:
             self.env["QUORUM_CLI"] = program
         self.printing = threading.Lock()
 
-    def run(self, name: str, path: str) -> Ended:
+    def run(self, name: str, path: str, part: str | None = None) -> Ended:
+        name += f" {part}" * bool(part)
         report, began = os.path.join(self.folder, name.replace("/", " ") + ".xml"), time.monotonic()
-        words = [*HEEDING, self.python, *PYTEST, f"--junitxml={report}", *self.words, path]
+        own = [f"--part={part}"] * bool(part)
+        words = [*HEEDING, self.python, *PYTEST, f"--junitxml={report}", *self.words, *own, path]
         with tempfile.TemporaryFile() as out:
             try:
                 status = subprocess.run(
@@ -145,7 +149,14 @@ class Runner:
 
     def all(self, wanted: dict[str, str], jobs: int) -> list[Ended]:
         with concurrent.futures.ThreadPoolExecutor(jobs) as pool:
-            return [it.result() for it in [pool.submit(self.run, *it) for it in wanted.items()]]
+            begun = [pool.submit(self.run, *it, part) for it in wanted.items() for part in parts(it[0])]
+            return [it.result() for it in begun]
+
+
+def parts(group: str) -> list[str | None]:
+    """The parts in which a group runs, as --part names them: none if it runs whole."""
+    count = PARTS.get(group, 1)
+    return [None] if count == 1 else [f"{it}/{count}" for it in range(1, count + 1)]
 
 
 def program() -> str:
@@ -204,7 +215,7 @@ def main() -> int:
     for group in ended:
         for why, times in group.why.items():
             print(f"skipped: {group.name}: {why}" + (f" ({times} tests)" if times > 1 else ""))
-    print(f"{len(ended)} groups in {time.monotonic() - began:.0f} s by {words.jobs} at a time")
+    print(f"{len(wanted)} groups in {time.monotonic() - began:.0f} s by {words.jobs} at a time")
     print(counts(*(sum(getattr(it, what) for it in ended) for what in ("passed", "failed", "skipped"))))
     return 1 if any(it.failed for it in ended) else 0
 
